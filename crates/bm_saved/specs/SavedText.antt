@@ -1,5 +1,5 @@
--- The text of a snapshot: a line for the counts, one for each node, one for each block number, and
--- a last one with the number of blocks and the sum of all bytes before it. A state has one text.
+-- The text of a snapshot: a line for the counts, one for each node, and one for each block number.
+-- A last line has the number of blocks and the sum of all bytes before it. A state has one text.
 use Rattle.std.specs.Prelude.{ℕ, ◌+◌, ◌*◌, ◌%◌, ◌^◌, Bool, not, ◌&&◌, if◌then◌else◌, List, [], ◌∷◌, ◌++◌, length, flat_map, Option, Some, None, codes, decimal}
 use Rattle.bm_base.specs.declared.event.Remaining.{Remaining}
 use Rattle.bm_base.specs.declared.replica.Tag.{Tag}
@@ -57,8 +57,8 @@ node_text s =
 
 -- Blocks.
 
--- the word of a tag, if the line does not imply it: a replica without one is good in the line of a
--- known block, and stray in that of another number
+-- The word of a tag, if the line does not imply it. A replica without one is good in the line of a
+-- known block, and stray in that of another number.
 abbrev pub tag_text : Tag → List ℕ
 tag_text Stale = codes ",\"stale\""
 tag_text Bad = codes ",\"bad\""
