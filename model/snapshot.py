@@ -100,10 +100,10 @@ def list_like(item):
     return rb"\[((?:(?:" + bare + rb")(?:,(?:" + bare + rb"))*)?)\]"
 
 
+COUNTED = [name.encode() for name in (*Limits._fields, "round", "calls")]
+
 COUNTS = re.compile(
-    rb'\{"snapshot":1'
-    + b"".join(b',"' + name.encode() + b'":' + NUMBER for name in (*Limits._fields, "round", "calls"))
-    + rb"\}"
+    rb'\{"snapshot":1' + b"".join(b',"' + it + b'":' + NUMBER for it in COUNTED) + rb"\}"
 )
 
 NODE = re.compile(

@@ -71,7 +71,7 @@ known_fits : (b : Bool) → b ≡ true → not b ≡ false
 known_fits true e = refl
 known_fits false e = cc
 
-either : (x y : Bool) → (x || y) ≡ true → (x ≡ true) ⊎ (y ≡ true)
+pub either : (x y : Bool) → (x || y) ≡ true → (x ≡ true) ⊎ (y ≡ true)
 either true y e = inl refl
 either false y e = inr e
 
@@ -84,7 +84,7 @@ some_left p f (x ∷ xs) e =
       | false ↦ λ h. some_left p f xs h
     ]) e
 
-among : {X : Type 0} (m : Map by_replica X) (b : ℕ) → has (map (λ q. q.block) (keys m)) b ≡ list_any (λ e. e.0.block == b) (entries m)
+pub among : {X : Type 0} (m : Map by_replica X) (b : ℕ) → has (map (λ q. q.block) (keys m)) b ≡ list_any (λ e. e.0.block == b) (entries m)
 unfolding keys
 among m b = any_map (λ y. y == b) (λ (q : ReplicaId). q.block) (map (λ e. e.0) (entries m)) ∙ any_map (λ (q : ReplicaId). q.block == b) (λ e. e.0) (entries m)
 
@@ -222,11 +222,11 @@ module _ (C : Cluster) (H : Holdings) (round : ℕ) (L : IsLawfulHoldings C H) (
 each_head : (x : ℕ) (xs : List ℕ) → Each (λ t. has xs t ≡ true) xs → Each (λ t. has (x ∷ xs) t ≡ true) xs
 each_head x xs each = each_then (λ t. has xs t ≡ true) (λ t. has (x ∷ xs) t ≡ true) xs each (λ t h. or_right (x == t) (has xs t) h)
 
-each_has : (xs : List ℕ) → Each (λ t. has xs t ≡ true) xs
+pub each_has : (xs : List ℕ) → Each (λ t. has xs t ≡ true) xs
 each_has [] = tt
 each_has (x ∷ xs) = (or_left (x == x) (has xs x) (same_again x), each_head x xs (each_has xs))
 
-ascending_distinct : (xs : List ℕ) → ascend (distinct xs) ≡ true
+pub ascending_distinct : (xs : List ℕ) → ascend (distinct xs) ≡ true
 unfolding distinct keys entries
 ascending_distinct xs = let m : Set by_number = insert_all (empty {X = Unit {0}}) (map (λ x. (x, tt)) xs) in ascending_keys m.list m.sorted
 

@@ -9,5 +9,9 @@ pub mod RestoredHoldings
 pub mod BlocksWithoutFaults
 pub mod LawfulBlocks
 pub mod BlocksInOrder
+pub mod SortedEntries
+pub mod BlocksSavedAgain
+pub mod NodesSavedAgain
+pub mod LinesSavedAgain
 pub mod RestoredParts
 pub mod Replays

@@ -89,14 +89,14 @@ by_draining C s false is none up = λ i. record C {
 
 -- the node is not known, so it does not drain
 
-is_unknown : (C : Cluster) (last : Option ℕ) (n : ℕ) → HasNodesUpTo last C → is_above last n ≡ true → contains_key C.nodes n ≡ false
+pub is_unknown : (C : Cluster) (last : Option ℕ) (n : ℕ) → HasNodesUpTo last C → is_above last n ≡ true → contains_key C.nodes n ≡ false
 is_unknown C last n up_to above = by (contains_key C.nodes n) refl
   where
     by : (b : Bool) → contains_key C.nodes n ≡ b → contains_key C.nodes n ≡ false
     by false e = e
     by true e = absurd (true≢false (sym above ∙ up_to n e))
 
-does_not_drain : (C : Cluster) (n : ℕ) → IsLawfulCluster C → contains_key C.nodes n ≡ false → drains C n ≡ false
+pub does_not_drain : (C : Cluster) (n : ℕ) → IsLawfulCluster C → contains_key C.nodes n ≡ false → drains C n ≡ false
 does_not_drain C n L none = by (drains C n) refl
   where
     by : (b : Bool) → drains C n ≡ b → drains C n ≡ false

@@ -51,7 +51,7 @@ all_of p (x ∷ xs) =
     at_most true = omega arith
     at_most false = omega arith
 
-len_empty : (X : Type 0) → len (empty {X = X} {o = by_number}) ≡ 0
+pub len_empty : (X : Type 0) → len (empty {X = X} {o = by_number}) ≡ 0
 unfolding len entries empty
 len_empty X = refl
 

@@ -1,7 +1,8 @@
 -- The laws of saving and restoring.
-use Rattle.std.specs.Prelude.{◌≡◌, ℕ, ◌≤◌, ◌==◌, if◌then◌else◌, List, ◌++◌, Option, Some, None}
+use Rattle.std.specs.Prelude.{◌≡◌, ℕ, ◌≤◌, ◌==◌, if◌then◌else◌, List, [], ◌∷◌, ◌++◌, Option, Some, None}
 use Rattle.bm_base.specs.declared.call.Call.{Call}
 use Rattle.bm_base.specs.declared.event.Event.TheVariants.{Register}
+use Rattle.bm_base.specs.declared.limits.Limits.{Limits}
 use Rattle.bm_base.specs.declared.replica.ReplicaId.{ReplicaId}
 use Rattle.bm_base.specs.Words.{get, first_of, cluster_checks, Cluster, Holdings, State, empty_cluster, empty_holdings, answers, state_after}
 use Rattle.bm_base.specs.Promises.Lawful.{IsLawfulCluster, IsLawfulHoldings}
@@ -34,6 +35,20 @@ restored_node_is_lawful =
     (C : Cluster) (last : Option ℕ) (s : SavedNode)
     → IsLawfulCluster C → HasNodesUpTo last C → node_fault C last s ≡ None
     → IsLawfulCluster (restore_node C s) × HasNodesUpTo (Some s.node) (restore_node C s)
+
+-- saving a cluster with a restored node gives what was saved before, and then the node
+abbrev pub restored_node_is_saved : Type 0
+restored_node_is_saved =
+    (C : Cluster) (last : Option ℕ) (s : SavedNode)
+    → IsLawfulCluster C → HasNodesUpTo last C → node_fault C last s ≡ None
+    → saved_nodes (restore_node C s) ≡ saved_nodes C ++ (s ∷ [])
+
+-- nodes without faults make a lawful cluster, of which they are saved again
+abbrev pub restored_nodes_are_saved : Type 0
+restored_nodes_are_saved =
+    (l : Limits) (ss : List SavedNode) → HaveNoNodeFaults (empty_cluster l) None ss
+    → IsLawfulCluster (restore_nodes (empty_cluster l) ss)
+    × (saved_nodes (restore_nodes (empty_cluster l) ss) ≡ ss)
 
 -- a node without a fault may register, and it is restored by events
 abbrev pub node_is_restored_by_events : Type 0
@@ -69,6 +84,21 @@ restored_block_is_in_order =
     (C : Cluster) (H : Holdings) (round : ℕ) (last : Option ℕ) (s : SavedBlock)
     → AreCommandedBy round H → HoldsUpTo last H → block_fault C round last s ≡ None
     → AreCommandedBy round (restore_block H s) × HoldsUpTo (Some s.id) (restore_block H s)
+
+-- saving holdings with a restored block gives what was saved before, and then the block
+abbrev pub restored_block_is_saved : Type 0
+restored_block_is_saved =
+    (C : Cluster) (H : Holdings) (round : ℕ) (last : Option ℕ) (s : SavedBlock)
+    → HoldsUpTo last H → block_fault C round last s ≡ None
+    → saved_blocks (restore_block H s) ≡ saved_blocks H ++ (s ∷ [])
+
+-- blocks without faults make lawful holdings, of which they are saved again
+abbrev pub restored_blocks_are_saved : Type 0
+restored_blocks_are_saved =
+    (C : Cluster) (round : ℕ) (ss : List SavedBlock) → HaveNoBlockFaults C round None ss
+    → IsLawfulHoldings C (restore_blocks empty_holdings ss)
+    × AreCommandedBy round (restore_blocks empty_holdings ss)
+    × (saved_blocks (restore_blocks empty_holdings ss) ≡ ss)
 
 -- a restored block changes the part of its shard alone
 abbrev pub restored_in_one_part : Type 0

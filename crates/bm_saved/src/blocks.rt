@@ -22,6 +22,16 @@ pub fn restored_block_is_in_order()
     ensures { law.restored_block_is_in_order }
 {}
 
+/// Saving holdings with a restored block gives what was saved before, and then the block.
+pub fn restored_block_is_saved()
+    ensures { law.restored_block_is_saved }
+{}
+
+/// Blocks without faults make lawful holdings, of which they are saved again.
+pub fn restored_blocks_are_saved()
+    ensures { law.restored_blocks_are_saved }
+{}
+
 /// A restored block changes the part of the block's shard as it changes whole holdings, and no
 /// other part.
 pub fn restored_in_one_part()

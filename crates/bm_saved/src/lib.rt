@@ -1,7 +1,8 @@
 //! What a snapshot holds of a manager's state, its text, and how the state is restored from it.
 //!
-//! Restoring what is saved gives the state again, and none of it has a fault. Whatever has no fault
-//! leaves a lawful state lawful. No call of the library saves or loads yet.
+//! `specs/` defines both; the contract of each function here is a law of them, or an example.
+//! What is saved has no fault, and restoring it gives the state again. What has no fault makes a
+//! lawful state, of which it is saved again. No call of the library saves or loads yet.
 //!
 //! - `nodes`, `blocks`: laws of saved nodes and of saved blocks
 //! - `calls`: a law of later calls

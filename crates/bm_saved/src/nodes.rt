@@ -17,6 +17,16 @@ pub fn restored_node_is_lawful()
     ensures { law.restored_node_is_lawful }
 {}
 
+/// Saving a cluster with a restored node gives what was saved before, and then the node.
+pub fn restored_node_is_saved()
+    ensures { law.restored_node_is_saved }
+{}
+
+/// Nodes without faults make a lawful cluster, of which they are saved again.
+pub fn restored_nodes_are_saved()
+    ensures { law.restored_nodes_are_saved }
+{}
+
 /// A node without a fault is restored by three events: it may register, it reports its remaining
 /// bytes, and drains.
 pub fn node_is_restored_by_events()
