@@ -33,7 +33,7 @@ const FAULTED: u8 = 1;
 const MISUSED: u8 = 2;
 
 /// The file `VERSION` at the top of the repository has it too.
-const VERSION: &str = "puljemrod_cluster 1.0.0";
+const VERSION: &str = "puljemrod_cluster 2.0.0";
 
 const HELP: &str = "Tools for HDFS clusters, chosen by the first word
 
