@@ -13,5 +13,6 @@ pub mod SortedEntries
 pub mod BlocksSavedAgain
 pub mod NodesSavedAgain
 pub mod LinesSavedAgain
+pub mod SavedStates
 pub mod RestoredParts
 pub mod Replays

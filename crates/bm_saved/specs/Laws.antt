@@ -5,10 +5,11 @@ use Rattle.bm_base.specs.declared.event.Event.TheVariants.{Register}
 use Rattle.bm_base.specs.declared.limits.Limits.{Limits}
 use Rattle.bm_base.specs.declared.replica.ReplicaId.{ReplicaId}
 use Rattle.bm_base.specs.Words.{get, first_of, cluster_checks, Cluster, Holdings, State, empty_cluster, empty_holdings, answers, state_after}
-use Rattle.bm_base.specs.Promises.Lawful.{IsLawfulCluster, IsLawfulHoldings}
+use Rattle.bm_base.specs.Promises.Lawful.{IsLawful, IsLawfulCluster, IsLawfulHoldings}
 use Rattle.bm_base.specs.Shards.{shard_of, cut}
 use Rattle.bm_saved.specs.Saved.{SavedBlock, SavedNode, saved_blocks, saved_nodes}
-use Rattle.bm_saved.specs.Restoring.{restore_block, restore_blocks, restore_node, restore_nodes, restore_node_by_events, storages_of_node}
+use Rattle.bm_saved.specs.Restoring.{restore_block, restore_blocks, restore_node, restore_nodes, restore_node_by_events, restored_state, storages_of_node}
+use Rattle.bm_saved.specs.SavedText.{text_of_lines, snapshot_text}
 use Rattle.bm_saved.specs.Faults.{node_fault, block_fault, HaveNoNodeFaults, HaveNoBlockFaults, HasNodesUpTo, HoldsUpTo}
 
 -- the pending transfers were commanded in this round or before it
@@ -106,6 +107,22 @@ restored_in_one_part =
     (H : Holdings) (s : SavedBlock) (index shards : ℕ)
     → cut (restore_block H s) index shards
     ≡ (if shard_of s.id shards == index then restore_block (cut H index shards) s else cut H index shards)
+
+-- States.
+
+-- restoring all that is saved of a lawful state gives the state
+abbrev pub state_is_restored : Type 0
+state_is_restored =
+    (M : State) → IsLawful M
+    → restored_state M (saved_nodes M.cluster) (saved_blocks M.holdings) ≡ M
+
+-- lines without faults are the snapshot of the state that they make
+abbrev pub lines_are_a_snapshot : Type 0
+lines_are_a_snapshot =
+    (M : State) (ns : List SavedNode) (bs : List SavedBlock)
+    → HaveNoNodeFaults (empty_cluster M.cluster.limits) None ns
+    → HaveNoBlockFaults (restored_state M ns bs).cluster M.round None bs
+    → snapshot_text (restored_state M ns bs) ≡ text_of_lines M ns bs
 
 -- Later calls.
 

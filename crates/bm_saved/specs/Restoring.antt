@@ -5,7 +5,7 @@ use Rattle.bm_base.specs.declared.replica.ReplicaId.{ReplicaId}
 use Rattle.bm_base.specs.declared.replica.Marks.{Marks}
 use Rattle.bm_base.specs.declared.event.Remaining.{Remaining}
 use Rattle.bm_base.specs.declared.storage.StorageInfo.{StorageInfo}
-use Rattle.bm_base.specs.Words.{insert, insert_all, Cluster, Holdings, replica_at, register, heartbeat, drain}
+use Rattle.bm_base.specs.Words.{insert, insert_all, Cluster, Holdings, State, empty_cluster, empty_holdings, replica_at, register, heartbeat, drain}
 use Rattle.bm_saved.specs.declared.SavedReplica.{SavedReplica}
 use Rattle.bm_saved.specs.declared.SavedTransfer.{SavedTransfer}
 use Rattle.bm_saved.specs.Saved.{SavedBlock, SavedNode}
@@ -55,3 +55,10 @@ restore_block H s = record {
 abbrev pub restore_blocks : Holdings → List SavedBlock → Holdings
 restore_blocks H [] = H
 restore_blocks H (s ∷ ss) = restore_blocks (restore_block H s) ss
+
+-- M with these nodes and blocks in place of its own: its limits and counts stay
+abbrev pub restored_state : State → List SavedNode → List SavedBlock → State
+restored_state M ns bs = record M {
+  cluster = restore_nodes (empty_cluster M.cluster.limits) ns;
+  holdings = restore_blocks empty_holdings bs;
+}

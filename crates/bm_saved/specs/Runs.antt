@@ -7,7 +7,7 @@ use Rattle.bm_base.specs.Words.{distinct, without_node, state_at_choice, empty_h
 use Rattle.bm_saved.specs.declared.LoadFault.{LoadFault}
 use Rattle.bm_saved.specs.Saved.{SavedNode, SavedBlock, entries_of_block, saved_block, held_numbers, saved_blocks, saved_node, saved_nodes}
 use Rattle.bm_saved.specs.Faults.{saved_node_checks, node_fault, saved_block_checks, block_fault}
-use Rattle.bm_saved.specs.SavedText.{counts_text, node_text, replica_text, pending_text, block_text, end_text, body_text, snapshot_text}
+use Rattle.bm_saved.specs.SavedText.{counts_text, node_text, replica_text, pending_text, block_text, end_text, body_text, text_of_lines, snapshot_text}
 
 -- the snapshot after these calls, from the first state with standard values on
 unfoldable pub snapshot_after : List Call → List ℕ
@@ -26,7 +26,7 @@ unfolding entries empty get insert alter keep revise revise_at remove len keys d
     cluster_checks block_checks calls_spent refusal_of round_refusal node_refusal storage_refusal block_refusal
     new_replicas done done_by after_event step
     entries_of_block saved_block held_numbers saved_blocks saved_node saved_nodes
-    digits counts_text node_text replica_text pending_text block_text end_text body_text snapshot_text
+    digits counts_text node_text replica_text pending_text block_text end_text body_text text_of_lines snapshot_text
 snapshot_after calls = snapshot_text (state_after (first_state standard) calls)
 
 unfoldable pub fault_of_node : Cluster → Option ℕ → SavedNode → Option LoadFault

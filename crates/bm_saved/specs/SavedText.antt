@@ -116,15 +116,15 @@ end_text blocks sum = field (codes "{\"end\":") blocks ++ field (codes ",\"sum\"
 
 -- All of it.
 
--- all lines but the last
-unfoldable pub body_text : State → List ℕ
-body_text M =
-    counts_text M
-    ++ flat_map node_text (saved_nodes M.cluster)
-    ++ flat_map block_text (saved_blocks M.holdings)
+-- all lines but the last: the limits and counts of M, and these nodes and blocks
+unfoldable pub body_text : State → List SavedNode → List SavedBlock → List ℕ
+body_text M ns bs = counts_text M ++ flat_map node_text ns ++ flat_map block_text bs
+
+unfoldable pub text_of_lines : State → List SavedNode → List SavedBlock → List ℕ
+text_of_lines M ns bs =
+    let body = body_text M ns bs in
+    body ++ end_text (length bs) (sum_after 0 body)
 
 -- the snapshot of a state
 unfoldable pub snapshot_text : State → List ℕ
-snapshot_text M =
-    let body = body_text M in
-    body ++ end_text (length (saved_blocks M.holdings)) (sum_after 0 body)
+snapshot_text M = text_of_lines M (saved_nodes M.cluster) (saved_blocks M.holdings)

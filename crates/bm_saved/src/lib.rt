@@ -4,7 +4,7 @@
 //! What is saved has no fault, and restoring it gives the state again. What has no fault makes a
 //! lawful state, of which it is saved again. No call of the library saves or loads yet.
 //!
-//! - `nodes`, `blocks`: laws of saved nodes and of saved blocks
+//! - `nodes`, `blocks`, `states`: laws of saved nodes, of saved blocks, and of whole states
 //! - `calls`: a law of later calls
 //! - `examples`: the text of a state, and each fault, computed
 #![tactic(auto)]
@@ -13,6 +13,7 @@ pub mod blocks;
 pub mod calls;
 pub mod examples;
 pub mod nodes;
+pub mod states;
 
 use bm_base::{Marks, StorageId};
 
