@@ -7,6 +7,6 @@ pub loop-node-preserved : goal.loop-node-preserved
 loop-node-preserved g c = record {
   made = called_at (heartbeat c.args.cluster.now.rows c.args.remaining) c.args.cluster.now.node_rows c.as_slice-node-items.result.now
       c.loop-node.node-index _ _ _ _ _ c.as_slice-node-items.ensures (omega (arith, c.loop-node-test.true))
-      (rw c.as_slice.ensures at c.in_ok-call.ensures) c.loop-node.invariant.made c.in_ok-make_call.ensures.made;
+      c.in_ok-call.ensures c.loop-node.invariant.made c.in_ok-make_call.ensures.made;
   in_step = c.in_ok-make_call.ensures.in_step;
 }
