@@ -28,6 +28,8 @@ class Keys:
             f"{prefix}{name}"
             for name in ("leader", "done", "options", "layout", "writers", "turn")
         )
+        # Whether rounds wait for blocks.
+        self.safe_mode = f"{prefix}safe_mode"
 
     def answers_to(self, writer):
         return f"{self.answers}{writer}/"

@@ -13,6 +13,7 @@ from batches import LEADER, Batch, value_of
 from keys import Stop, number_of, numbered
 from log import Fenced, Tail, position_of
 from name import Name
+from safe_mode import SafeMode
 from store import ANSWER, LeaseGone, Refused, Store, StoreError, absent, after, created, get
 from store import modified, put
 
@@ -30,13 +31,14 @@ HASHES = 1_000
 class Leadership:
     """What the keeper and the publisher of a replica share."""
 
-    def __init__(self, replica, name, servers, lease, interval, keep):
+    def __init__(self, replica, name, servers, lease, interval, keep, share=0, extension=0):
         self.replica, self.keys, self.say = replica, replica.keys, replica.say
         self.servers = servers
         self.store = Store(servers, max(1, min(ANSWER, lease // 3)))
         self.publishing = Store(servers)
         self.name = Name(self.store, self.keys, name, lease)
         self.interval, self.keep = interval, keep
+        self.safe_mode = SafeMode(replica, self.name, servers, share, extension)
         # When this replica's key as the leader was created; 0 if it does not lead.
         self.epoch = 0
         # Set once the lease is gone: then the publisher lets etcd decide.
@@ -51,7 +53,7 @@ class Leadership:
         self.keep_lease = self.keep_until = 0
         self.keep_part = max(1, keep // 1440)
         self.threads = [threading.Thread(target=self.run, args=(turn,), daemon=True)
-                        for turn in (self.keep_turn, self.publish_turn)]
+                        for turn in (self.keep_turn, self.publish_turn, self.count_turn)]
 
     def run(self, turn):
         silent = None
@@ -80,6 +82,7 @@ class Leadership:
             elif not (hangs and self.epoch):
                 self.store.keep_alive(self.name.lease)
             self.look(hangs)
+            self.safe_mode.read(self.store, lambda shown: self.status(safe_mode=shown))
             self.write_status()
         except LeaseGone:
             self.name.lease = None
@@ -136,13 +139,18 @@ class Leadership:
         self.status_at = time.monotonic()
         self.name.write(self.status())
 
-    def status(self, stopped=None):
+    def status(self, stopped=None, safe_mode=None):
         replica = self.replica
         with replica.changed:
             status = {"name": self.name.text, "leads": bool(self.epoch), "applied": replica.applied,
                       "lines": replica.lines, "hashed": replica.hashed[0],
-                      "hash": replica.hashed[1]}
+                      "hash": replica.hashed[1],
+                      "safe_mode": safe_mode or self.safe_mode.shown}
         return json.dumps({**status, "stopped": stopped} if stopped else status)
+
+    def count_turn(self):
+        self.safe_mode.count(self.epoch)
+        self.replica.stopped.wait(TURN)
 
     # The publisher.
 
@@ -207,8 +215,9 @@ class Leadership:
         self.keep_until = now + self.keep_part
 
     def round_in(self):
-        """Seconds until a round is due, and the one before was applied."""
-        if not self.interval or not self.epoch or self.replica.rounds <= self.sent_round:
+        """Seconds until a round is due, the one before was applied, and safe mode is off."""
+        waits = self.replica.rounds <= self.sent_round or not self.safe_mode.is_off()
+        if not self.interval or not self.epoch or waits:
             return TURN
         return self.round_at - time.monotonic()
 

@@ -41,7 +41,8 @@ def joined(words, keys, say):
     given = {**options, "shards": words.shards, "workers": words.workers}
     replica = Replica(Manager(words.tool, words.library, **given), keys, say)
     leadership = Leadership(
-        replica, words.name, words.etcd, words.lease, words.interval, words.keep
+        replica, words.name, words.etcd, words.lease, words.interval, words.keep,
+        words.safe_mode, words.extension
     )
     store = Store(words.etcd)
     agree_on_layout(store, keys)

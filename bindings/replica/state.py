@@ -8,7 +8,9 @@ import threading
 from collections import deque
 
 from batches import BATCH, LEADER, Taken, batch_of, with_header
+from census import Census
 from keys import Stop, numbered
+from puljemrod import Fault
 
 # Lines between two hashes.
 HASH_EVERY = 1_000
@@ -40,6 +42,8 @@ class Replica:
         self.say = say
         self.taken = Taken()
         self.hash = hashlib.sha256()
+        # Held while calls are made, so that what is counted is of one state.
+        self.calling, self.census = threading.Lock(), Census()
         self.stopped = threading.Event()
         self.why = None
 
@@ -65,7 +69,9 @@ class Replica:
         """Makes the calls of a log key."""
         batch = batch_of(value)
         count, text = self.taken.take(batch)
-        answers = self.manager.lines(text) if text else b""
+        with self.calling:
+            answers = self.manager.lines(text) if text else b""
+            self.census.take(text, answers)
         self.hash.update(text)
         self.hash.update(answers)
         lines = text.count(b"\n")
@@ -84,6 +90,18 @@ class Replica:
                     values.append((numbered(self.keys.hashes, self.lines), self.hashed[1]))
                 self.outputs.append((index, values))
             self.changed.notify_all()
+
+    def counts(self):
+        """How many blocks are known and have a live replica, and how many DataNodes are alive and
+        have reported. None if the manager gives no answer: the next line shows why."""
+        census = self.census
+        with self.calling:
+            try:
+                missing = self.manager.lines(b'{"op":"list_missing"}\n').count(b"; ")
+            except Fault:
+                return None
+            return {"live": census.blocks - missing, "known": census.blocks,
+                    "reported": len(census.reported), "nodes": len(census.nodes)}
 
     def output(self, batch, count, first, answers):
         """The keys and values that the leader writes: commands before the answers."""

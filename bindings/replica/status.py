@@ -5,6 +5,7 @@ import json
 from access import Stop
 from keys import Keys, agree_on_layout
 from log import last_index, position_of
+from safe_mode import described, state_in
 from store import Store, StoreError, after
 
 
@@ -33,6 +34,7 @@ def overview_of(access, prefix):
         "log": last,
         "answered": position_of(done)[0] - 1,
         "replicas": replicas,
+        "safe_mode": state_in(store, keys, replicas),
         "servers": list(stores_of(access)),
     }
 
@@ -44,6 +46,8 @@ def status(words, _):
         return 0
     print(f"leader {overview['leader'] or 'none'}; log key {overview['log']}; "
           f"answered to {overview['answered']}")
+    if overview["safe_mode"]["on"]:
+        print(f"safe mode, so no rounds: {described(overview['safe_mode'])}")
     row = "{:<16} {:<8} {:>10} {:>12} {:>6} {:>12}  {}"
     print(row.format("REPLICA", "STATE", "APPLIED", "LINES", "LAG", "HASHED AT", "HASH"))
     for it in overview["replicas"]:

@@ -259,16 +259,16 @@ def wrong_accounts_are_refused(secured):
 
 # The keys that an account reaches, in the order in which `Keys` names them.
 READS = {"writer": "log answers sessions done options layout writers turn",
-         "replica": "log hashes replicas leader done options layout writers turn"}
+         "replica": "log hashes replicas leader done options layout writers turn safe_mode"}
 WRITES = {"writer": "log sessions writers turn",
-          "replica": "log answers hashes commands replicas leader done options layout"}
+          "replica": "log answers hashes commands replicas leader done options layout safe_mode"}
 
 
 def accounts_reach_their_keys_alone(secured):
     it = secured()
     keys = it.manager.keys
     names = [name for name in vars(keys) if name != "prefix"]
-    want(len(names) == 12, f"the keys are {names}")
+    want(len(names) == 13, f"the keys are {names}")
     root = Store(it.servers.access("root"))
     for user in ("writer", "replica"):
         store, reads, writes = Store(it.servers.access(user)), [], []

@@ -219,8 +219,8 @@ class Manager:
         words = self.words("run", urls) + ["--name", name]
         if "--library" not in options:
             words += ["--tool", tool or self.tool]
-        process = Process(words + ["--lease", str(lease), "--interval", "0.5", *options],
-                          self.folder / f"{self.prefix}-{name}.log")
+        words += ["--lease", str(lease), "--interval", "0.5", "--safe-mode", "0", *options]
+        process = Process(words, self.folder / f"{self.prefix}-{name}.log")
         self.processes[name] = process
         return process
 
