@@ -78,9 +78,10 @@ class SafeMode:
         if not epoch:
             self.reached, self.count_at = None, 0
         elif self.read_with == self.name.lease and self.state == ON and self.is_due():
+            why = described(self.shown) if self.share else "--safe-mode is 0"
             guard = [created(self.replica.keys.leader, epoch), modified(self.key, self.written)]
             if self.store.transact(guard, [put(self.key, OFF)]).succeeded:
-                self.replica.say(f"safe mode ends: {described(self.shown)}")
+                self.replica.say(f"safe mode ends: {why}")
 
     def is_due(self):
         """Whether the share is reached, and the extension has passed since."""
@@ -95,7 +96,9 @@ class SafeMode:
         is_reached = known > 0 and live >= self.share * known
         self.reached = (self.reached or now) if is_reached else None
         left = max(0, self.reached + self.extension - now) if is_reached else None
-        self.shown = {"on": True, "share": self.share, **counts, "left": left}
+        # It may have been ended by hand meanwhile.
+        if self.state == ON:
+            self.shown = {"on": True, "share": self.share, **counts, "left": left}
         return left == 0
 
 
