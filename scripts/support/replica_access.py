@@ -246,6 +246,7 @@ def wrong_accounts_are_refused(secured):
     it.is_refused("write", failed, user="nobody")
     it.is_refused("run", denied, user="writer", password_file=it.tls / "writer.password")
     it.is_refused("status", denied, user="writer", password_file=it.tls / "writer.password")
+    it.is_refused("leave-safe-mode", denied, user="writer", password_file=it.tls / "writer.password")
     it.is_refused("write", denied, user="replica", password_file=it.tls / "replica.password")
     it.is_refused("write", "give --user", user=None, password_file=None)
     it.is_refused("write", f"or in the environment variable {PASSWORD}", password_file=None)
