@@ -138,8 +138,15 @@ class Servers:
         self.processes = [None] * count
         for number in range(count):
             self.start(number)
-        self.store = Store(self.access())
+        self.clients = threading.local()
         wait_for("etcd answers", self.answers)
+
+    @property
+    def store(self):
+        """A client for the thread that asks for it: checks run next to each other."""
+        if not hasattr(self.clients, "store"):
+            self.clients.store = Store(self.access())
+        return self.clients.store
 
     def access(self, user=None, urls=None):
         """The access for this process, with the account of a user if there is one."""
