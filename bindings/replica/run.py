@@ -3,6 +3,7 @@
 import signal
 import time
 
+from http_page import Page
 from keys import Keys, Stop, agree_on_layout, agree_on_options
 from leader import Leadership
 from log import read
@@ -57,10 +58,13 @@ def joined(words, keys, say):
 
 def run(words, say):
     keys = Keys(words.prefix)
+    page = Page(words.http) if words.http else None
     replica, leadership = joined(words, keys, say)
     for number in (signal.SIGTERM, signal.SIGINT):
         signal.signal(number, lambda *_: replica.stopped.set())
     leadership.start()
+    if page:
+        page.start(replica, leadership, words.pend)
     say(f"reads the log below {keys.log}")
     try:
         for entry in read(Store(words.etcd), keys, say):
@@ -69,6 +73,8 @@ def run(words, say):
                 break
             if entry:
                 replica.apply(*entry)
+            if page:
+                page.take()
     except Fault as fault:
         leadership.finish()
         replica.stop(reason_of(fault))

@@ -46,6 +46,8 @@ class Replica:
         self.calling, self.census = threading.Lock(), Census()
         self.stopped = threading.Event()
         self.why = None
+        # What else sees the lines and their answers.
+        self.watch = None
 
         self.changed = threading.Condition()
         # The last log key and the number of lines whose calls were made.
@@ -74,6 +76,8 @@ class Replica:
             self.census.take(text, answers)
         self.hash.update(text)
         self.hash.update(answers)
+        if self.watch:
+            self.watch(text, answers)
         lines = text.count(b"\n")
         with self.changed:
             first = self.lines + 1
