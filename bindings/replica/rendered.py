@@ -182,7 +182,7 @@ def of_blocks(values):
     if not values.levels:
         return "The first scan of all blocks has not ended."
     text = (f"Levels were scanned from line {number(values.levels.line)} on, "
-            f"for {values.levels.seconds:,.0f} seconds. ")
+            f"in {values.levels.seconds:,.0f} s. ")
     if values.lists:
         return text + f"Corrupt and excess replicas are those of line {number(values.lists.line)}."
     return text + "Only followers list corrupt and excess replicas of this many blocks."
@@ -232,7 +232,7 @@ def page(values, overview, name, reasons, points, seconds):
 <p class=weak>Values of line {number(values.lines)}, {time.strftime('%Y-%m-%d %H:%M:%S', time.gmtime(values.time))} UTC</p>
 {''.join(map(fault, reasons))}<div class=tiles>{tiles}</div>
 {charts(list(points), now, seconds)}
-{table('Replicas', ('name', 'state', 'lines', 'behind', 'log keys behind', 'hash'), replicas(overview) if overview else [])}
+{table('Replicas', ('name', 'state', 'lines', 'lines behind', 'keys behind', 'hash'), replicas(overview) if overview else [])}
 {''.join(map(fault, stops))}
 <div class=columns><div>
 {table('Blocks by level', ('level', 'blocks', 'which'), of_levels, of_blocks(values), 'last-text')}

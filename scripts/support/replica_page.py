@@ -314,6 +314,34 @@ def addresses_are_checked():
     taken.close()
 
 
+def rendering_is_brief():
+    """While Python renders a page, no line is answered: the largest one takes 10 milliseconds of
+    CPU time at most."""
+    page, _ = page_of({block: b"0" for block in range(http_page.LEVELS)}, True)
+    count, now = 8 * http_page.ROWS, time.time()
+    for node in range(count):
+        page.facts.take_register({"node": node, "rack": node, "storages": [2 * node, 2 * node + 1]})
+    for node in reversed(range(count)):
+        page.facts.take_heartbeat({"node": node, "remaining": [[2 * node, 10**15 + node]]})
+    for number in range(facts.ROUNDS):
+        page.facts.take_round(b"round %d; copy 1 2 3 4 5 6" % number)
+    for number in range(page.points.maxlen):
+        page.points.append(http_page.Point(now - 10 * (page.points.maxlen - number), 1000 * number, (1, 2, 3, 4, number), number))
+    status = {"name": "r1", "leads": True, "lines": 5, "applied": 5, "hash": "ab" * 32}
+    page.overview = http_page.Overview("r1", 5, [status])
+    seconds = []
+    for _ in range(8):
+        page.due = 0
+        page.take()
+        start = time.thread_time()
+        page.answer("/metrics")
+        text = page.answer("/").body.decode()
+        seconds.append(time.thread_time() - start)
+    want(text.count("<tr>") < 2 * http_page.ROWS + 50, f"{text.count('<tr>')} rows")
+    want(f"<tr><td>{count - 1}</td>" in text and "These are 256 of 2,048." in text, "other nodes than those that are silent")
+    want(min(seconds) < 0.01, f"it takes {1e3 * min(seconds):.1f} ms")
+
+
 def get(port, path):
     try:
         with urllib.request.urlopen(f"http://127.0.0.1:{port}{path}", timeout=10) as answer:
