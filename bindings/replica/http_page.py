@@ -20,6 +20,7 @@ from facts import Facts
 from log import last_index
 from puljemrod import Library, OutOfMemory, TextOwed
 from rendered import metrics, page
+from safe_mode import state_in
 from store import Store, StoreError, after
 
 # Seconds between two snapshots or readings of etcd, between two points of the chart, and of all of
@@ -45,7 +46,7 @@ Snapshot = namedtuple(
     "time leads applied lines rounds nodes draining storages free blocks pending copies deletes "
     "last_rounds some_nodes some_racks racks levels lists asks",
 )
-Overview = namedtuple("Overview", "leader last replicas")
+Overview = namedtuple("Overview", "leader last replicas safe_mode", defaults=[{"on": False}])
 Point = namedtuple("Point", "time lines levels copies")
 Answer = namedtuple("Answer", "status kind body")
 
@@ -217,10 +218,11 @@ class Page:
     def read_etcd(self):
         keys, store = self.replica.keys, self.store
         leader = store.value(keys.leader)
-        replicas = store.range(keys.replicas, after(keys.replicas)).entries
+        entries = store.range(keys.replicas, after(keys.replicas)).entries
+        replicas = [json.loads(entry.value) for entry in entries]
         return Overview(
-            json.loads(leader.value)["name"] if leader else None, last_index(store, keys),
-            [json.loads(entry.value) for entry in replicas],
+            json.loads(leader.value)["name"] if leader else None, last_index(store, keys), replicas,
+            state_in(store, keys, replicas),
         )
 
     def add_point(self):

@@ -3,6 +3,8 @@
 import html
 import time
 
+from safe_mode import described
+
 # Levels with their meaning, as RULES has them.
 MEANINGS = ("one live replica, or drained ones alone", "under a third of the wanted replicas are live",
             "fewer live replicas than wanted", "enough, but all on one rack", "missing: no usable replica")
@@ -30,6 +32,8 @@ def families(values, overview, name):
            {"": max(0, overview.last - values.applied) if overview else None})
     yield ("lag_lines", "gauge", "Lines behind the replica that has taken most.",
            {"": lag_in_lines(values, overview)})
+    yield ("safe_mode", "gauge", "1 in safe mode: the leader appends no rounds.",
+           {"": int(overview.safe_mode["on"]) if overview else None})
     yield "values_time_seconds", "gauge", "When these values were taken, as Unix time.", {"": values.time}
     yield "lines_total", "counter", "Lines taken from the log.", {"": values.lines}
     yield "rounds_total", "counter", "Rounds in the log.", {"": values.rounds}
@@ -223,6 +227,8 @@ def page(values, overview, name, reasons, points, seconds):
          "drains" if it.drains else "")
         for it in values.some_nodes
     ]
+    if overview and overview.safe_mode["on"]:
+        reasons = [*reasons, f"safe mode, so no rounds: {described(overview.safe_mode)}"]
     stops = [f"{it['name']}: {it['stopped']}" for it in overview.replicas if "stopped" in it] if overview else []
     return f"""<!DOCTYPE html>
 <html lang=en><head><meta charset=utf-8><title>{escaped} {state}</title>

@@ -282,6 +282,11 @@ def unhealthy_replicas_say_why():
     page.take()
     want(page.answer("/") is not old, "the page is of old values")
     want(page.answer("/x").status == 404, "another path is answered")
+    for on in (False, True):
+        page.overview = http_page.Overview("r2", 5, [], {"on": on, "live": 2, "known": 3, "share": 0.5, "left": 9, "reported": 1, "nodes": 4})
+        text = page.answer("/").body.decode()
+        want(on == ("safe mode, so no rounds: 2 of 3 known blocks have a live replica, 9 s are left" in text), f"in safe mode: {on}")
+        want(f'puljemrod_safe_mode{{replica="<r\\"1>"}} {int(on)}\n' in page.answer("/metrics").body.decode(), f"in safe mode: {on}")
     page.why, page.overview = None, http_page.Overview("r2", 5, [])
     page.watch(b'{"op":"dead","node":1}\n', b"ok 0 0\n")
     want(health()[0] == 503 and "there are no newer values: KeyError(1)" in health()[1], f"{health()}")
